@@ -303,14 +303,14 @@ node_by plan i entry held part over (Ok made) mode_is variables_are signs fewest
     built_by plan i entry held part over made (record { mode_is = mode_is; variables_are = variables_are; signs = signs; fewest = fewest; reached = reached; differ = differ }) within
 node_by plan i entry held part over (Err fault) mode_is variables_are signs fewest reached differ within = tt
 
--- a relation has fewest states as it is made
-pub relation_built : (plan : Plan) → AreNodes (entries_of plan) → (i : ℕ) (entry : Entry) → slice_get (entries_of plan) i ≡ Some entry → (form : Relation) → entry.node ≡ Basic form
-    → (result : Result (Content Sign) StepFault) → IfOk result (IsOver plan.mode (distinct (variables_of_basic form)) (relation_meaning form)) → IfOk result IsAutomaton
+-- what has fewest states as it is made
+pub built_as_made : (plan : Plan) → AreNodes (entries_of plan) → (i : ℕ) (entry : Entry) → slice_get (entries_of plan) i ≡ Some entry → (node : DagNode) → entry.node ≡ node
+    → (result : Result (Content Sign) StepFault) → IfOk result (IsMadeOf plan entry node) → IfOk result IsAutomaton
     → IfOk result IsLeast → IfOk result (IsWithin plan.limit) → IfOk result (IsBuiltAt plan i)
-relation_built plan nodes i entry held form is (Ok made) over automaton least within =
-    built_by plan i entry held made (IsOver-node plan nodes i entry held made automaton (Basic form) is over) made
+built_as_made plan nodes i entry held node is (Ok made) made_of automaton least within =
+    built_by plan i entry held made (IsOver-node plan nodes i entry held made automaton node is made_of) made
     (record { mode_is = refl; variables_are = refl; signs = λ word _. refl; fewest = least.fewest; reached = least.reached; differ = least.differ }) within
-relation_built plan nodes i entry held form is (Err fault) over automaton least within = tt
+built_as_made plan nodes i entry held node is (Err fault) made_of automaton least within = tt
 
 -- what is within the limit, or is small, and is more than the limit: so the limit is small
 pub too_small : (limit : ℕ) (part : Content Sign) → IsWithin limit part ⊎ IsWithin 16 part → limit < length part.nodes + length part.states → limit < 16

@@ -1,5 +1,5 @@
 -- The automaton of a root, and its variables.
-use Rattle.std.proofs.Common.{◌≡◌, ℕ, zero, suc, ◌+◌, ◌<◌, inl, inr, Option, None, List, [], ◌∷◌, ◌++◌, Contains, length, map, take, slice_get, slice_index, Some, refl, sym, ap, ap₂, subst, ◌∙◌, arith}
+use Rattle.std.proofs.Common.{◌≡◌, ℕ, zero, suc, ◌+◌, ◌<◌, inl, inr, Option, None, Result, Ok, Err, IfOk, List, [], ◌∷◌, ◌++◌, Contains, length, map, take, slice_get, slice_index, Some, refl, sym, ap, ap₂, subst, ◌∙◌, arith}
 use Rattle.std.specs.List.Sorted.{IsStrictlyIncreasing}
 use Rattle.std.proofs.lemmas.Option.{none-some, same_Some, slice_get_within, slice_get-map, slice_get-get_or}
 use Rattle.std.specs.List.{AllZip, range_with_len, sum}
@@ -17,7 +17,8 @@ use Rattle.ms_logic.specs.Lists.{Each, AreRising, IsAmong}
 use Rattle.ms_dag.specs.Share.{AreRootsOf, IsDagOf, IsRootOf, children_of_roots, variables_of_roots}
 use Rattle.ms_logic_core.specs.declared.core_formula.Lowered.{Lowered}
 use Rattle.ms_build.specs.declared.plan.Plan.{Plan}
-use Rattle.ms_build.proofs.FormLemmas.{least_by, IsLeastFrom}
+use Rattle.ms_list.specs.declared.fault.StepFault.{StepFault}
+use Rattle.ms_logic_words.specs.Residual.{IsLeast}
 use Rattle.ms_dag.specs.declared.node.Child.{Child}
 use Rattle.ms_logic.specs.declared.mode.Mode.{Mode}
 use Rattle.ms_logic.specs.declared.mode.Order.{Order}
@@ -32,7 +33,7 @@ use Rattle.std.proofs.lemmas.List.FromFn.{get_or-map-range_with_len, length-rang
 use Rattle.std.proofs.lemmas.List.Sums.{sum_by-cons}
 use Rattle.ms_dfa.specs.Values.{Meaning}
 use Rattle.ms_build.specs.Built.{HasOnly, IsOver, IsPart, IsReadAt, child_meaning, entries_of, imports_for}
-use Rattle.ms_build.specs.Roots.{AreRootVariables, AreRootsRead, IsReadInSource, IsRootAt, named}
+use Rattle.ms_build.specs.Roots.{AreRootVariables, AreRootsRead, IsOverRoot, IsReadInSource, IsRootAt, named}
 use Rattle.ms_build.proofs.ChildLemmas.{same_variable}
 use Rattle.ms_build.proofs.PlaceLemmas.{contains_place, own-among}
 
@@ -125,11 +126,15 @@ root_at roots r child variables of_child of_variables = by (slice_get roots r) r
     by None same has_child has_variables = absurd (none-some child has_child)
     by (Some root) same has_child has_variables = (root, same, same_Some root.child child has_child, same_Some root.variables variables has_variables)
 
--- the automaton of a root, once it has fewest states
-pub root_by : (plan : Plan) (r : ℕ) (root : SharedRoot) → slice_get plan.dag.now.roots r ≡ Some root → (over : Content Sign)
-    → IsOver plan.mode (named plan.dag.now.orders root.variables) (child_meaning (imports_for plan) (entries_of plan) root.child) over → (made : Content Sign) → IsLeastFrom over made → IsRootAt plan r made
-root_by plan r root held over is made least =
-    (root, held, least_by plan.mode (named plan.dag.now.orders root.variables) (child_meaning (imports_for plan) (entries_of plan) root.child) over is made least)
+-- the automaton of a root, that has fewest states as it is made
+pub root_made : (plan : Plan) (r : ℕ) (root : SharedRoot) → slice_get plan.dag.now.roots r ≡ Some root → (result : Result (Content Sign) StepFault) → IfOk result (IsOverRoot plan root.child root.variables)
+    → IfOk result IsLeast → IfOk result (IsRootAt plan r)
+root_made plan r root held (Ok made) over least = (
+  root,
+  held,
+  record { mode_is = over.mode_is; variables_are = over.variables_are; values = over.values; fewest = least.fewest; reached = least.reached; differ = least.differ },
+)
+root_made plan r root held (Err fault) over least = tt
 
 -- an item beside another in two lists
 zipped : {A B : Type 0} (R : A → B → Type 0) (xs : List A) (ys : List B) → AllZip R xs ys → (place : ℕ) (y : B) → slice_get ys place ≡ Some y → (x : A) × (slice_get xs place ≡ Some x) × R x y

@@ -115,6 +115,11 @@ over_by mode over meaning part tracks (Ok made) automaton mode_is values tracks_
 }
 over_by mode over meaning part tracks (Err fault) automaton mode_is values tracks_are among is = tt
 
+-- what has fewest states still has them over more variables
+pub least_still : (part : Content Sign) → IsLeast part → (result : Result (Content Sign) StepFault) → IfOk result (λ made. (made ≡ part) ⊎ IsLeast made) → IfOk result IsLeast
+least_still part is (Ok made) least = ⊎_elim (λ same. subst IsLeast (sym same) is) (λ few. few) least
+least_still part is (Err fault) least = tt
+
 -- what is short of nodes once some variables were added is so from the beginning
 pub widening_then : (limit : ℕ) (part wide : Content Sign) (wanted first second : List Variable) → IsAutomaton wide → IsWider part first wide → (wide ≡ part) ⊎ IsLeast wide
     → ((v : Variable) → IsAmong first v → IsAmong wanted v) → ((v : Variable) → IsAmong second v → IsAmong wanted v) → WideningLacks limit wide second → WideningLacks limit part wanted

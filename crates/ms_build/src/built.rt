@@ -6,7 +6,6 @@ ghost use Rattle.ms_build.specs.Short.{IsStepRefused, IsUnbuilt, NodeLacks, Root
 ghost use Rattle.ms_dfa_explore.specs.Explored.{OnRefused};
 ghost use Rattle.ms_build.specs.inner.Uses.{AreLastUses};
 
-use crate::children::least;
 use crate::nodes::node;
 use crate::plan::Plan;
 use crate::roots::over_variables;
@@ -156,10 +155,6 @@ impl<'a> Built<'a> {
     {
         let child = self.plan.dag.root(r);
         let variables = self.plan.dag.variables(r);
-        let over = over_variables(&self.plan, self.automata.slice(), child, variables)?;
-        match least(&self.plan, &over) {
-            Ok(made) => Ok(made),
-            Err(NoMemory) => Err(StepFault::Memory),
-        }
+        over_variables(&self.plan, self.automata.slice(), child, variables)
     }
 }

@@ -30,7 +30,7 @@ pub(crate) fn least(plan: &Plan, made: &Automaton) -> Result<Automaton, NoMemory
 }
 
 /// The automaton of a child, over the variables of the node above it that the child has. Since these rise, it has the states and
-/// the nodes of that of the child's node.
+/// the nodes of that of the child's node, and fewest states as that has.
 pub(crate) fn brought(
     plan: &Plan,
     built: &[Automaton],
@@ -44,6 +44,7 @@ pub(crate) fn brought(
     ensures part { IfOk result (IsBrought plan.now child.now) }
     ensures only { IfOk result (HasOnly child.now.map) }
     ensures operand { IfOk result (IsOperand plan.now child.now) }
+    ensures least { IfOk result IsLeast }
     ensures within { IfOk result (IsWithin plan.now.limit) }
 {
     let automaton = &built[child.node as usize];

@@ -9,6 +9,7 @@ ghost use Rattle.ms_build.specs.Built.{IsImportOf, IsLimit, IsOver, IsPart, IsWi
 ghost use Rattle.ms_basic.specs.States.{states_of};
 ghost use Rattle.ms_dfa_explore.specs.Explored.{OnRefused};
 ghost use Rattle.ms_build.specs.Short.{ImportLacks};
+ghost use Rattle.ms_rename.specs.Renamed.{Rises};
 
 use crate::plan::Plan;
 use ms_basic::{basic, constant};
@@ -60,7 +61,7 @@ pub(crate) fn relation(plan: &Plan, form: &Basic) -> Result<Automaton, StepFault
 }
 
 /// An import, at these variables. Its automaton has fewest states before it is renamed, so that what a renaming makes of it is
-/// fixed by what it answers.
+/// fixed by what it answers. Where the variables rise, it has fewest as it is made.
 pub(crate) fn imported(
     plan: &Plan,
     orders: &[Order],
@@ -70,6 +71,8 @@ pub(crate) fn imported(
     requires limit { IsLimit plan.now.limit }
     requires import { IsImportOf plan.now.imports.now plan.now.mode orders.now number variables.now }
     ensures import { IfOk result (IsPart plan.now.mode orders.now variables.now (import_meaning (imports_for plan.now) number variables.now)) }
+    ensures automaton { IfOk result IsAutomaton }
+    ensures least { Rises variables.now → IfOk result IsLeast }
     ensures within { IfOk result (IsWithin plan.now.limit) }
     ensures nodes { OnRefused result (λ refused. ImportLacks plan.now number variables.now) }
 {
@@ -78,5 +81,7 @@ pub(crate) fn imported(
     let _ = automaton.states();
     let few = minimise(plan.alloc, automaton, plan.limit)?;
     let _ = few.states();
-    rename(plan.alloc, &few, variables.slice(), plan.limit)
+    let made = rename(plan.alloc, &few, variables.slice(), plan.limit)?;
+    let _ = made.states();
+    Ok(made)
 }

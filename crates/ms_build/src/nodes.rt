@@ -17,6 +17,7 @@ use ms_logic::Order;
 use ms_minim::minimise;
 use ms_product::Op;
 use ms_project::Quantifier;
+use ms_rename::rises;
 
 /// A quantifier with its restriction and its body.
 #[derive(Clone, Copy)]
@@ -93,7 +94,8 @@ fn of_form(plan: &Plan, built: &[Automaton], entry: &Entry) -> Result<Automaton,
     }
 }
 
-/// The automaton of the next node, with fewest states. That of a relation has fewest as it is made.
+/// The automaton of the next node, with fewest states. That of a relation has fewest as it is made, and so has that of an import
+/// at variables that rise.
 pub(crate) fn node(plan: &Plan, built: &[Automaton]) -> Result<Automaton, StepFault>
     requires limit { IsLimit plan.now.limit }
     requires nodes { AreNodes (entries_of plan.now) }
@@ -107,6 +109,11 @@ pub(crate) fn node(plan: &Plan, built: &[Automaton]) -> Result<Automaton, StepFa
     let entry = plan.dag.entry(built.len() as u32);
     if let DagNode::Basic(form) = &entry.node {
         return relation(plan, form);
+    }
+    if let DagNode::Import(number, variables) = &entry.node {
+        if rises(variables.slice()) {
+            return imported(plan, entry.orders.slice(), *number, variables);
+        }
     }
     let part = of_form(plan, built, entry)?;
     // The states tell that it is an automaton.

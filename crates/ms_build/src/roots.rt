@@ -4,6 +4,7 @@ ghost use Rattle.std.specs.List.Sorted.{IsStrictlyIncreasing};
 ghost use Rattle.ms_dfa_explore.specs.Explored.{OnRefused};
 ghost use Rattle.ms_build.specs.Built.{AreBuiltFor, IsLimit, IsThere, IsWithin, entries_of};
 ghost use Rattle.ms_build.specs.Short.{ChildLacks};
+ghost use Rattle.ms_logic_words.specs.Residual.{IsLeast};
 ghost use Rattle.ms_build.specs.Roots.{AreRootVariables, IsOverRoot, IsReadInSource, named};
 
 use crate::children::brought;
@@ -28,7 +29,7 @@ fn root_tracks(plan: &Plan, variables: &[u32]) -> Result<List<Track>, NoMemory>
     Ok(made)
 }
 
-/// The automaton of a root's formula, over the root's variables.
+/// The automaton of a root's formula, over the root's variables and with fewest states.
 pub(crate) fn over_variables(
     plan: &Plan,
     built: &[Automaton],
@@ -42,6 +43,7 @@ pub(crate) fn over_variables(
     requires variables { AreRootVariables child.now variables.now }
     requires rising { IsStrictlyIncreasing child.now.map }
     ensures root { IfOk result (IsOverRoot plan.now child.now variables.now) }
+    ensures least { IfOk result IsLeast }
     ensures within { IfOk result (IsWithin plan.now.limit) }
     ensures nodes { OnRefused result (λ refused. ChildLacks plan.now child.now (named plan.now.dag.now.orders variables.now)) }
 {

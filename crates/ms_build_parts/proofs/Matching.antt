@@ -1,6 +1,5 @@
 -- The states of an automaton of fewest states correspond to those of a canonical content that says the same.
 use Rattle.std.proofs.Common.{◌≡◌, ℕ, zero, suc, ◌<◌, Bool, false, List, [], ◌∷◌, ◌++◌, length, map, slice_get, Option, Some, None, refl, sym, ap, subst, ◌∙◌, arith}
-use Rattle.std.specs.List.{AllByRecursion}
 use Rattle.std.specs.Option.{option_map}
 use Rattle.std.proofs.lemmas.List.{length-map}
 use Rattle.ms_list.specs.declared.word.Word.{Word}
@@ -10,6 +9,7 @@ use Rattle.ms_arena.specs.Bits.{below_from}
 use Rattle.ms_arena.specs.Diagram.{Bits, leaf_of}
 use Rattle.ms_arena.proofs.Lists.{slice_get-held}
 use Rattle.ms_arena.proofs.Paths.{leaf_of-leaf}
+use Rattle.ms_dfa.proofs.OrdersLemmas.{over-same}
 use Rattle.ms_logic.specs.Assignment.{Variable}
 use Rattle.ms_logic.specs.declared.mode.Order.{Order}
 use Rattle.ms_logic_words.specs.Content.{Content, IsClosed, IsFollowed, IsWordOver, LeadsToStates, NamesPart, StateOf, bits_at, count_of, first_state, is_in_letters, is_truth_value, last_state, next_from, next_state, padded, sign_at, state_after}
@@ -27,22 +27,9 @@ use Rattle.ms_build_parts.specs.Laws.{IsMeasuredBy}
 use Rattle.ms_build_parts.specs.SaySame.{AreComparable}
 use Rattle.ms_build_parts.specs.inner.Matched.{IsMatch, IsMatchedBy, LeadToMatches, number_of_part}
 
--- what only depends on the orders of variables
-same_count : (has_bit : Order → Bool) (one other : List Variable) → map (λ v. v.order) other ≡ map (λ v. v.order) one → count_of has_bit other ≡ count_of has_bit one
-same_count has_bit [] [] same = refl
-same_count has_bit [] (w ∷ ws) same = cc
-same_count has_bit (v ∷ vs) [] same = cc
-same_count has_bit (v ∷ vs) (w ∷ ws) same =
-    let first : w.order ≡ v.order = cc in
-    let more : map (λ u. u.order) ws ≡ map (λ u. u.order) vs = cc in
-    rw (first, same_count has_bit vs ws more) refl
-
 -- what is a word over one list is one over the other
 pub over_same : (one other : List Variable) (word : Word) → map (λ v. v.order) other ≡ map (λ v. v.order) one → IsWordOver one word → IsWordOver other word
-over_same one other word same over = record {
-  truth = over.truth ∙ sym (same_count is_truth_value one other same);
-  letters = subst (λ n. AllByRecursion (λ (letter : List Bool). length letter ≡ n) word.letters) (sym (same_count is_in_letters one other same)) over.letters;
-}
+over_same one other word same over = over-same one other (sym same) word over
 
 same_bits : (has_bit : Order → Bool) (level : ℕ) (one other : List Variable) (bits : Bits) → map (λ v. v.order) other ≡ map (λ v. v.order) one → bits_before has_bit level other bits ≡ bits_before has_bit level one bits
 same_bits has_bit zero one other bits same = refl

@@ -40,6 +40,7 @@ use Rattle.ms_logic_starts.proofs.RisingLemmas.{rising_distinct}
 use Rattle.ms_logic_words.specs.Content.{Content, HasValueAt, IsClosed, IsFollowed, is_in_letters, is_truth_value, variables_by_place, variables_from}
 use Rattle.ms_logic_words.specs.declared.sign.Sign.{Sign}
 use Rattle.ms_rename.specs.Renamed.{HasPartsOf, renamed}
+use Rattle.ms_rename.proofs.LeastLemmas.{parts_closed, renamed-orders}
 use Rattle.ms_rename.proofs.OrderLemmas.{distinct-same, renamed-rising}
 use Rattle.ms_build_steps.specs.Laws.{IsPlanned}
 use Rattle.ms_build_steps.proofs.NodeSigns.{say_same}
@@ -56,53 +57,12 @@ named_rising (x ∷ []) (o ∷ os) rising = (tt, tt)
 named_rising (x ∷ y ∷ names) (o ∷ []) rising = (tt, tt)
 named_rising (x ∷ y ∷ names) (o ∷ p ∷ os) rising = (rising 0 (omega arith), named_rising (y ∷ names) (p ∷ os) (rising_behind x (y ∷ names) rising))
 
--- renamed variables keep their orders
-renamed_orders : (names : List ℕ) (vs : List Variable) → length names ≡ length vs → map (λ (v : Variable). v.order) (renamed names vs) ≡ map (λ (v : Variable). v.order) vs
-renamed_orders [] [] long = refl
-renamed_orders [] (v ∷ vs) long = absurd (omega (arith, long))
-renamed_orders (name ∷ names) [] long = absurd (omega (arith, long))
-renamed_orders (name ∷ names) (v ∷ vs) long = ap (λ (os : List Order). v.order ∷ os) (renamed_orders names vs (omega (arith, long)))
-
--- at each place stands a variable of the same order
-pub value_at_place : (has_value : Order → Bool) (vs ws : List Variable) → map (λ (v : Variable). v.order) vs ≡ map (λ (v : Variable). v.order) ws → (place : ℕ) → HasValueAt vs has_value place → HasValueAt ws has_value place
-value_at_place has_value vs ws same place at =
-    let order : option_map (λ (v : Variable). v.order) (slice_get ws place) ≡ Some at.0.order =
-    sym (slice_get-map (λ (v : Variable). v.order) ws place) ∙ ap (λ os. slice_get os place) (sym same) ∙ slice_get-map (λ (v : Variable). v.order) vs place ∙ ap (option_map (λ (v : Variable). v.order)) at.1 in
-    by (slice_get ws place) refl order
-  where
-    by : (found : Option Variable) → slice_get ws place ≡ found → option_map (λ (v : Variable). v.order) found ≡ Some at.0.order → HasValueAt ws has_value place
-    by None held is = absurd (none-some at.0.order is)
-    by (Some w) held is = (w, held, subst (λ o. IsTrue (has_value o)) (sym (same_Some w.order at.0.order is)) at.2)
-
 -- variables by their places that are renamed, under names
 renamed_through : (names places : List ℕ) (os : List Order) (base : ℕ) → length places ≡ length os → through names (renamed places (variables_from base os)) ≡ variables_named (picked names places) os
 renamed_through names [] [] base long = refl
 renamed_through names [] (o ∷ os) base long = absurd (omega (arith, long))
 renamed_through names (p ∷ places) [] base long = absurd (omega (arith, long))
 renamed_through names (p ∷ places) (o ∷ os) base long = ap (λ (vs : List Variable). variable (slice_index names p) o ∷ vs) (renamed_through names places os (base + 1) (omega (arith, long)))
-
-module _ (one least : Content Sign) (parts : HasPartsOf least one) (orders : map (λ (v : Variable). v.order) one.variables ≡ map (λ (v : Variable). v.order) least.variables) where
-  -- the same content with these parts
-  abbrev own : Content Sign
-  own = record { mode = one.mode; variables = one.variables; start = least.start; states = least.states; nodes = least.nodes }
-
-  is_own : one ≡ own
-  is_own = λ i. record { mode = one.mode; variables = one.variables; start = parts.start i; states = parts.states i; nodes = parts.nodes i }
-
-  followed_least : (has_value : Order → Bool) (root : Ref) → IsFollowed own has_value root → IsFollowed least has_value root
-  followed_least has_value root followed = record {
-    valid = followed.valid;
-    states = followed.states;
-    tests = λ place tested. value_at_place has_value one.variables least.variables orders place (followed.tests place tested);
-  }
-
-  pub closed_least : IsClosed one → IsClosed least
-  closed_least closed =
-      let same = subst IsClosed is_own closed in
-      record {
-        start = followed_least is_truth_value least.start same.start;
-        next = λ place other within. followed_least is_in_letters (slice_index_or least.states place other).next (same.next place other within);
-      }
 
 -- a child of the formula of a root, whose variables have these names there
 module _ (imports : List Import) (calls : Calls) (lowered : Lowered) (plan : Plan) (is : IsPlanned imports calls lowered plan) (number : ℕ) (root : Root) (is_root : slice_get lowered.roots number ≡ Some root) (own_names : List ℕ)
@@ -133,7 +93,7 @@ module _ (imports : List Import) (calls : Calls) (lowered : Lowered) (plan : Pla
   variables_are = operand.variables ∙ distinct-same (renamed child.map least.variables) (renamed-rising child.map least.variables map_rises)
 
   pub orders_are : map (λ (v : Variable). v.order) one.variables ≡ map (λ (v : Variable). v.order) least.variables
-  orders_are = ap (λ vs. map (λ (v : Variable). v.order) vs) variables_are ∙ renamed_orders child.map least.variables map_long
+  orders_are = ap (λ vs. map (λ (v : Variable). v.order) vs) variables_are ∙ renamed-orders child.map least.variables map_long
 
   -- the automaton of the child's node is measured by the full content of the formula
   module _ (content : Content Sign) (full_own : IsOwnContent imports plan.mode f content) where
@@ -151,7 +111,7 @@ module _ (imports : List Import) (calls : Calls) (lowered : Lowered) (plan : Pla
     measured : IsMeasuredBy least content
     measured = record {
       ordered = subst IsOrdered operand.parts.nodes operand.automaton.ordered;
-      closed = closed_least one least operand.parts orders_are operand.automaton.closed;
+      closed = parts_closed one least operand.parts orders_are operand.automaton.closed;
       own = rising_distinct least.variables (subst AreRising (sym least_is.variables_are) (rising-by_place 0 entry.orders));
       reached = least_is.reached;
       differ = least_is.differ;

@@ -31,7 +31,7 @@ use Rattle.ms_build_steps.proofs.ManyMeanings.{child_means}
 use Rattle.ms_build_steps.proofs.NodeSigns.{say_same}
 use Rattle.ms_build_steps.proofs.Operands.{child_orders, named_rising}
 use Rattle.ms_build_steps.proofs.Ordered.{ordered_in_root}
-use Rattle.ms_build_steps.proofs.SameParts.{parts_differ, parts_reached}
+use Rattle.ms_rename.proofs.LeastLemmas.{parts_differ, parts_reached}
 
 module _ (imports : List Import) (calls : Calls) (lowered : Lowered) (plan : Plan) (is : IsPlanned imports calls lowered plan) (number : ℕ) (root : Root) (is_root : slice_get lowered.roots number ≡ Some root) (names : List ℕ)
     (child : Child) (f : CoreForm) (at : ChildOccurs (whole_formula calls root) plan.dag.now.entries names f child) (i : ℕ) (outer : List Order) (is_child : IsChild plan.dag.now.entries i outer child)

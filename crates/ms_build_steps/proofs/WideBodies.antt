@@ -23,7 +23,8 @@ use Rattle.ms_logic_words.proofs.DecodedWords.{encodings_are}
 use Rattle.ms_logic_words.specs.Residual.{AreReached, HaveDifferentResiduals, IsLeast}
 use Rattle.ms_minim_canonical.proofs.ContentLemmas.{IsClosed-content}
 use Rattle.ms_wider_parts.specs.Fixed.{IsFixedBy}
-use Rattle.ms_build_steps.proofs.SameParts.{closed_same, orders_of, over, parts_differ, parts_reached, sign_same}
+use Rattle.ms_dfa.proofs.OrdersLemmas.{orders_of}
+use Rattle.ms_rename.proofs.LeastLemmas.{closed_same, over, parts_differ, parts_reached, sign_same}
 use Rattle.ms_build_steps.proofs.Sides.{IsSide, is_own}
 use Rattle.ms_build_steps.proofs.WideResiduals.{IsSaidBy, said_fixes}
 

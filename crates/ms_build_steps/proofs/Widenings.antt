@@ -33,7 +33,8 @@ use Rattle.ms_wider_parts.specs.Fixed.{IsFixedBy}
 use Rattle.ms_build_steps.specs.Laws.{BodiesWidenWithinBudget, WideningsAreWithinBudget}
 use Rattle.ms_build_steps.proofs.FixedWidenings.{fixed_children_are_below, wide_among}
 use Rattle.ms_build_steps.proofs.Operands.{named_rising, side}
-use Rattle.ms_build_steps.proofs.SameParts.{orders_of, over}
+use Rattle.ms_dfa.proofs.OrdersLemmas.{orders_of}
+use Rattle.ms_rename.proofs.LeastLemmas.{over}
 use Rattle.ms_build_steps.proofs.Sides.{IsSide}
 use Rattle.ms_build_steps.proofs.Through.{named_through, through_orders}
 use Rattle.ms_build_steps.proofs.WideBodies.{bodies_are_fixed, encoding_same}

@@ -2,16 +2,18 @@
 use Rattle.std.proofs.Common.{◌≡◌, ℕ, suc, ◌+◌, ◌<◌, true, leb, if◌then◌else◌, List, [], ◌∷◌, length, map, slice_index, refl, sym, ap, subst, ◌∙◌, arith}
 use Rattle.std.specs.List.{zip}
 use Rattle.std.proofs.lemmas.Bool.{le-leb}
+use Rattle.ms_dfa.proofs.OrdersLemmas.{orders_of}
 use Rattle.ms_logic.specs.Assignment.{Variable}
 use Rattle.ms_logic_measures.specs.CallMeasures.{HasReachedParts, LeadsToReferences, in_order_of, inserted, sorted}
 use Rattle.ms_logic_starts.proofs.RisingLemmas.{rising_distinct}
 use Rattle.ms_logic_words.specs.Content.{Content}
 use Rattle.ms_logic_words.specs.declared.sign.Sign.{Sign}
 use Rattle.ms_rename.specs.Renamed.{Rises, renamed}
+use Rattle.ms_rename.proofs.LeastLemmas.{renamed-orders}
 use Rattle.ms_rename.proofs.OrderLemmas.{distinct-same, renamed-rising}
 use Rattle.ms_calls.specs.Renamings.{RisingRenamesHaveFewParts}
 use Rattle.ms_calls.proofs.Own.{as_read}
-use Rattle.ms_calls.proofs.Positions.{few_same, orders_of, other}
+use Rattle.ms_calls.proofs.Positions.{few_same, other}
 
 rises_behind : (x : ℕ) (xs : List ℕ) → Rises (x ∷ xs) → Rises xs
 rises_behind x xs rises i within =
@@ -40,17 +42,11 @@ seconds (x ∷ xs) (v ∷ vs) long = ap (λ (list : List Variable). v ∷ list) 
 in_order_same : (numbers : List ℕ) (vs : List Variable) → length numbers ≡ length vs → Rises numbers → in_order_of numbers vs ≡ vs
 in_order_same numbers vs long rises = ap (map (λ (p : ℕ × Variable). p.1)) (sorted_same numbers vs rises) ∙ seconds numbers vs long
 
-renamed_orders : (numbers : List ℕ) (vs : List Variable) → length numbers ≡ length vs → orders_of vs ≡ orders_of (renamed numbers vs)
-renamed_orders [] [] long = refl
-renamed_orders [] (v ∷ vs) long = absurd (omega (arith, long))
-renamed_orders (x ∷ xs) [] long = absurd (omega (arith, long))
-renamed_orders (x ∷ xs) (v ∷ vs) long = ap (λ list. v.order ∷ list) (renamed_orders xs vs (omega (arith, long)))
-
 pub rising_renames_have_few_parts : RisingRenamesHaveFewParts
 rising_renames_have_few_parts content made numbers automaton is_made long rises variables parts m r measure n counted =
     let names_are : made.variables ≡ renamed numbers content.variables = variables ∙ distinct-same (renamed numbers content.variables) (renamed-rising numbers content.variables rises) in
     let own = rising_distinct made.variables is_made.rising in
-    let same : orders_of content.variables ≡ orders_of made.variables = renamed_orders numbers content.variables long ∙ ap orders_of (sym names_are) in
+    let same : orders_of content.variables ≡ orders_of made.variables = sym (renamed-orders numbers content.variables long) ∙ ap orders_of (sym names_are) in
     let is = as_read content automaton in
     let whole : made ≡ other content is made.mode made.variables own same
     = λ i. record { mode = made.mode; variables = made.variables; start = parts.start i; states = parts.states i; nodes = parts.nodes i } in

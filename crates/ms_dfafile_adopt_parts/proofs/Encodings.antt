@@ -7,7 +7,7 @@ use Rattle.ms_arena.specs.Diagram.{Bits}
 use Rattle.ms_arena.proofs.Lists.{slice_get-held}
 use Rattle.ms_build.proofs.PlaceLemmas.{length-by_place}
 use Rattle.ms_build.proofs.WholeLemmas.{rising-by_place}
-use Rattle.ms_build_steps.proofs.SameParts.{orders_of}
+use Rattle.ms_dfa.proofs.OrdersLemmas.{orders_of}
 use Rattle.ms_dfa.specs.Narrow.{ReadsThrough, gathered, narrowed_letter}
 use Rattle.ms_dfa.specs.Narrow.{narrowed as narrowed_by}
 use Rattle.ms_dfa.proofs.CoveredLemmas.{covered_encodes}

@@ -5,7 +5,7 @@ use Rattle.std.proofs.lemmas.List.{length-map}
 use Rattle.std.proofs.lemmas.Option.{get_or_from_slice_get, slice_get-map, slice_get_within}
 use Rattle.ms_arena.specs.declared.node.Ref.{Ref}
 use Rattle.ms_arena.proofs.Lists.{slice_get-held}
-use Rattle.ms_build_steps.proofs.SameParts.{last_same, over}
+use Rattle.ms_rename.proofs.LeastLemmas.{last_same, over}
 use Rattle.ms_dfa.specs.Files.{content_of_file, file_states_of}
 use Rattle.ms_dfa.specs.declared.plain.FileSign.{FileSign}
 use Rattle.ms_dfa.specs.declared.plain.FileState.{FileState}

@@ -9,7 +9,7 @@ use Rattle.std.proofs.lemmas.Option.{get_or_from_slice_get, none-some, same_Some
 use Rattle.ms_arena.proofs.Lists.{slice_get-held}
 use Rattle.ms_build.proofs.WholeLemmas.{rising-by_place}
 use Rattle.ms_build_steps.proofs.Imports.{orders_from}
-use Rattle.ms_build_steps.proofs.SameParts.{orders_of}
+use Rattle.ms_dfa.proofs.OrdersLemmas.{orders_of}
 use Rattle.ms_dfa.specs.declared.plain.FileVar.{FileVar}
 use Rattle.ms_dfa.specs.declared.plain.Plain.{Plain}
 use Rattle.ms_dfa_explore.specs.Tracks.{distinct, place_of}

@@ -5,7 +5,8 @@ use Rattle.ms_arena.specs.Bits.{below_from}
 use Rattle.ms_arena.specs.Diagram.{Bits}
 use Rattle.ms_build_parts.specs.Labels.{IsLabelledBelow, IsOrigin, behind, behind_state}
 use Rattle.ms_build_parts.proofs.Matching.{over_same}
-use Rattle.ms_build_steps.proofs.SameParts.{closed_same, differ_same, orders_of, over, reached_same, sign_same}
+use Rattle.ms_dfa.proofs.OrdersLemmas.{orders_of}
+use Rattle.ms_rename.proofs.LeastLemmas.{closed_same, differ_same, over, reached_same, sign_same}
 use Rattle.ms_build_steps.proofs.WideBodies.{encoding_same}
 use Rattle.ms_build_steps.proofs.WideResiduals.{IsSaidBy, said_fixes}
 use Rattle.ms_build_steps.proofs.Widenings.{full_tells}

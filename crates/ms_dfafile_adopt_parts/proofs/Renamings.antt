@@ -9,7 +9,8 @@ use Rattle.ms_arena.specs.Diagram.{Bits}
 use Rattle.ms_arena.proofs.Lists.{slice_get-held}
 use Rattle.ms_build_parts.specs.SaySame.{AreComparable}
 use Rattle.ms_build_parts.proofs.Matching.{over_same}
-use Rattle.ms_build_steps.proofs.SameParts.{closed_same, differ_same, orders_of, over, sign_same}
+use Rattle.ms_dfa.proofs.OrdersLemmas.{orders_of}
+use Rattle.ms_rename.proofs.LeastLemmas.{closed_same, differ_same, over, sign_same}
 use Rattle.ms_build_steps.proofs.WideBodies.{encoding_same}
 use Rattle.ms_build_steps.proofs.Widenings.{full_tells}
 use Rattle.ms_dfa.specs.Automaton.{IsAutomaton}

@@ -1,6 +1,7 @@
 pub mod BesideLemmas
 pub mod DiagonalLemmas
 pub mod ImageLemmas
+pub mod LeastLemmas
 pub mod OrderLemmas
 pub mod OwnPlaces
 pub mod RelabelLemmas

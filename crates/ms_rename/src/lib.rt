@@ -10,6 +10,6 @@ mod tracks;
 mod whole;
 
 pub use examples::{worked_numbers, worked_renamings};
-pub use renaming::rename;
+pub use renaming::{rename, rises};
 pub use tracks::renamed_tracks;
 pub use whole::{widen, widen_all};

@@ -1,6 +1,7 @@
 ghost use Rattle.std.specs.Prelude.{◌≡◌, ◌≤◌, length, map, IfOk, IsTrue, ◌+◌, ◌↔◌};
 ghost use Rattle.ms_dfa.specs.Automaton.{states_of};
 ghost use Rattle.ms_dfa.specs.Values.{HasValues, own_meaning};
+ghost use Rattle.ms_logic_words.specs.Residual.{IsLeast};
 ghost use Rattle.ms_dfa_explore.specs.Explored.{OnRefused};
 ghost use Rattle.ms_dfa_explore.specs.Tracks.{distinct};
 ghost use Rattle.ms_basic.specs.Operands.{HaveOneOrder};
@@ -60,7 +61,7 @@ fn renamed_in_scratch(alloc: Global, a: &Automaton, map: &[u32]) -> Result<Autom
 }
 
 /// Whether each number is below the next.
-fn rises(map: &[u32]) -> bool
+pub fn rises(map: &[u32]) -> bool
     ensures { IsTrue result ↔ Rises map.now }
 {
     for i in 1..map.len() {
@@ -78,6 +79,7 @@ fn renamed_in_order(alloc: Global, a: &Automaton, map: &[u32]) -> Result<Automat
     ensures mode { IfOk result (λ made. made.mode ≡ a.now.mode) }
     ensures variables { IfOk result (λ made. made.variables ≡ distinct (renamed map.now a.now.variables)) }
     ensures parts { IfOk result (HasPartsOf a.now) }
+    ensures least { IsLeast a.now → IfOk result IsLeast }
     ensures values { IfOk result (HasValues (renamed_meaning map.now a.now.variables (own_meaning a.now))) }
 {
     let store = a.store().copy()?;
@@ -99,6 +101,7 @@ pub fn rename(alloc: Global, a: &Automaton, map: &[u32], limit: u64) -> Result<A
     ensures values { IfOk result (HasValues (renamed_meaning map.now a.now.variables (own_meaning a.now))) }
     // Where the numbers rise, the automaton stays as it is but for its names, and memory alone can be wanting.
     ensures same { Rises map.now → IfOk result (HasPartsOf a.now) }
+    ensures least { Rises map.now → IsLeast a.now → IfOk result IsLeast }
     ensures only_memory { Rises map.now → OnRefused result (λ refused. ⊥) }
     ensures within { (Rises map.now → length a.now.nodes + length a.now.states ≤ limit) → IfOk result (λ made. length made.nodes + length made.states ≤ limit) }
     // Where they do not rise, it has what starts reach alone.

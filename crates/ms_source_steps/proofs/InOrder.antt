@@ -4,7 +4,7 @@ use Rattle.std.specs.List.{zip}
 use Rattle.std.proofs.lemmas.Bool.{cases_lt}
 use Rattle.std.proofs.lemmas.Bool.Decides.{nat_tests}
 use Rattle.ms_build_steps.proofs.Imports.{orders_from}
-use Rattle.ms_build_steps.proofs.SameParts.{orders_of}
+use Rattle.ms_dfa.proofs.OrdersLemmas.{orders_of}
 use Rattle.ms_logic.specs.Assignment.{Variable}
 use Rattle.ms_logic.specs.Lists.{Each, IsAmong}
 use Rattle.ms_logic.specs.declared.mode.Order.{Order}

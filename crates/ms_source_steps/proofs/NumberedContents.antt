@@ -2,8 +2,8 @@
 use Rattle.std.proofs.Common.{◌≡◌, List, [], ◌∷◌, Contains, length, refl, sym, ap, subst, ◌∙◌, arith}
 use Rattle.std.proofs.lemmas.List.{length-map}
 use Rattle.ms_build_parts.proofs.Matching.{over_same}
-use Rattle.ms_build_steps.proofs.Operands.{value_at_place}
-use Rattle.ms_build_steps.proofs.SameParts.{differ_same, orders_of, over, reached_same, sign_same}
+use Rattle.ms_dfa.proofs.OrdersLemmas.{has_value-same, orders_of}
+use Rattle.ms_rename.proofs.LeastLemmas.{differ_same, over, reached_same, sign_same}
 use Rattle.ms_build_steps.proofs.SameValues.{assigned_same, encodes_same}
 use Rattle.ms_diagram.proofs.RootLemmas.{Contains-from_mapped, Contains-mapped}
 use Rattle.ms_list.specs.declared.word.Word.{Word}
@@ -41,8 +41,8 @@ canonical_over content mode us same canonical = record {
         let other = length-map content.variables (λ (v : Variable). v.order) in
         let long = ap length same in
         omega (arith, below, one, other, long);
-    start_tests = λ place tested. value_at_place _ content.variables us (sym same) place (canonical.rules.start_tests place tested);
-    next_tests = λ i state held place tested. value_at_place _ content.variables us (sym same) place (canonical.rules.next_tests i state held place tested);
+    start_tests = λ place tested. has_value-same content.variables us (sym same) _ place (canonical.rules.start_tests place tested);
+    next_tests = λ i state held place tested. has_value-same content.variables us (sym same) _ place (canonical.rules.next_tests i state held place tested);
   };
   states_reached = reached_same content mode us same canonical.states_reached;
   states_differ = differ_same content mode us same canonical.states_differ;

@@ -5,7 +5,7 @@ use Rattle.std.proofs.lemmas.List.{map_push}
 use Rattle.ms_build_steps.specs.Kinds.{IsMeasureOfKind, Kind, itself, widening}
 use Rattle.ms_build_steps.proofs.Imports.{orders_from}
 use Rattle.ms_build_steps.proofs.ManyVariables.{contains_among}
-use Rattle.ms_build_steps.proofs.SameParts.{orders_of}
+use Rattle.ms_dfa.proofs.OrdersLemmas.{orders_of}
 use Rattle.ms_dag_steps.proofs.JoinedLemmas.{without_there}
 use Rattle.ms_logic.specs.Assignment.{Variable}
 use Rattle.ms_logic.specs.Lists.{Each, IsAmong, without}

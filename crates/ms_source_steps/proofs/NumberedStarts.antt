@@ -4,7 +4,7 @@ use Rattle.std.specs.Option.{option_and_then, option_map}
 use Rattle.std.proofs.lemmas.Option.{none-some, same_Some, slice_get-map}
 use Rattle.ms_arena.specs.Diagram.{Bits, leaf_of}
 use Rattle.ms_build_parts.proofs.Matching.{over_same}
-use Rattle.ms_build_steps.proofs.SameParts.{last_same}
+use Rattle.ms_rename.proofs.LeastLemmas.{last_same}
 use Rattle.ms_list.specs.declared.word.Word.{Word}
 use Rattle.ms_logic.specs.Assignment.{Variable}
 use Rattle.ms_logic.specs.Lists.{Each, IsAmong}

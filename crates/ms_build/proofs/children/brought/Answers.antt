@@ -44,3 +44,8 @@ pub returns-in-Ok-clause-within : goal.returns-in-Ok-clause-within
 returns-in-Ok-clause-within c =
     let is = c.requires.built c.args.child.now.node c.index-built-child.result (slice_get-get_or c.args.built.now c.args.child.now.node c.index-built-child.result c.requires.there.0 ∙ ap Some (sym c.index-built-child.is)) c.requires.there.1 in
     within_parts c.args.plan.now.limit c.index-built-child.result c.in-Ok.made (c.in-Ok.ensures.same (subst IsStrictlyIncreasing (sym c.slice.ensures) c.requires.rising)) is.3
+
+pub returns-in-Ok-clause-least : goal.returns-in-Ok-clause-least
+returns-in-Ok-clause-least c =
+    let is = c.requires.built c.args.child.now.node c.index-built-child.result (slice_get-get_or c.args.built.now c.args.child.now.node c.index-built-child.result c.requires.there.0 ∙ ap Some (sym c.index-built-child.is)) c.requires.there.1 in
+    c.in-Ok.ensures.least (subst IsStrictlyIncreasing (sym c.slice.ensures) c.requires.rising) (record { fewest = is.2.fewest; reached = is.2.reached; differ = is.2.differ })

@@ -1,9 +1,11 @@
-use Rattle.std.proofs.Common.{◌≡◌, ◌<◌, ◌+◌, inl, inr, length, slice_get, Some, refl, subst, rules}
+use Rattle.std.proofs.Common.{IfOk, sym, ◌≡◌, ◌<◌, ◌+◌, inl, inr, length, slice_get, Some, refl, subst, rules}
 use Rattle.ms_dag.specs.Dag.{HasOwnOrders}
-use Rattle.ms_build.specs.Built.{entries_of}
-use Rattle.ms_build.proofs.FormLemmas.{IsOver-node, node_by, operands_one_order, relation_built, too_small}
-use Rattle.ms_build.specs.Short.{FormLacks, NodeLacks}
+use Rattle.ms_dag.specs.declared.node.DagNode.TheVariants.{Basic, Import}
+use Rattle.ms_build.specs.Built.{IsImportOf, IsPart, entries_of, import_meaning, imports_for}
+use Rattle.ms_build.proofs.FormLemmas.{IsOver-node, built_as_made, node_by, operands_one_order, too_small}
+use Rattle.ms_build.specs.Short.{FormLacks, ImportLacks, NodeLacks}
 use Rattle.ms_build.proofs.RefusalLemmas.{fault_more, refused_more}
+use Rattle.ms_rename.specs.Renamed.{Rises}
 use Rattle.ms_build.proofs.nodes.node.Goals as goal
 use Rattle.ms_logic_words.specs.Content.{Content}
 use Rattle.ms_logic_words.specs.declared.sign.Sign.{Sign}
@@ -17,8 +19,29 @@ relation-requires-clause-orders c =
 pub returns-in-Basic-clause-built : goal.returns-in-Basic-clause-built
 returns-in-Basic-clause-built c =
     let is = c.relation.ensures in
-    relation_built c.args.plan.now c.requires.nodes (length c.args.built.now) c.entry-entry.result.now c.entry-entry.ensures c.in-Basic.form c.in-Basic.is c.relation.result
+    built_as_made c.args.plan.now c.requires.nodes (length c.args.built.now) c.entry-entry.result.now c.entry-entry.ensures (Basic c.in-Basic.form) c.in-Basic.is c.relation.result
     is.relation is.automaton is.least is.within
+
+pub imported-requires-clause-import : goal.imported-requires-clause-import
+imported-requires-clause-import c =
+    subst (λ orders. IsImportOf c.args.plan.now.imports.now c.args.plan.now.mode orders c.in-Import.number c.in-Import.variables) (sym c.slice-then-rises.ensures)
+    (c.requires.imports (length c.args.built.now) c.entry-entry.result.now c.in-Import.number c.in-Import.variables c.entry-entry.ensures c.in-Import.is)
+
+pub returns-then-rises-clause-built : goal.returns-then-rises-clause-built
+returns-then-rises-clause-built c =
+    let plan = c.args.plan.now in
+    let entry = c.entry-entry.result.now in
+    let is = c.imported.ensures in
+    built_as_made plan c.requires.nodes (length c.args.built.now) entry c.entry-entry.ensures (Import c.in-Import.number c.in-Import.variables) c.in-Import.is c.imported.result
+    (subst (λ orders. IfOk c.imported.result (IsPart plan.mode orders c.in-Import.variables (import_meaning (imports_for plan) c.in-Import.number c.in-Import.variables))) c.slice-then-rises.ensures is.import)
+    is.automaton (is.least (subst Rises c.slice.ensures (c.rises.ensures.0 c.if-rises.true))) is.within
+
+pub returns-then-rises-clause-nodes : goal.returns-then-rises-clause-nodes
+returns-then-rises-clause-nodes c =
+    let plan = c.args.plan.now in
+    let entry = c.entry-entry.result.now in
+    refused_more (λ refused. ImportLacks plan c.in-Import.number c.in-Import.variables) (λ refused. NodeLacks plan (length c.args.built.now)) c.imported.result
+    (λ refused short. (entry, c.entry-entry.ensures, inr (subst (FormLacks plan entry.orders) (sym c.in-Import.is) short))) c.imported.ensures.nodes
 
 pub of_form-requires-clause-node : goal.of_form-requires-clause-node
 of_form-requires-clause-node c =

@@ -4,7 +4,7 @@ use Rattle.ms_logic.specs.Lists.{AreRising, IsAmong}
 use Rattle.ms_build.specs.Built.{child_meaning, entries_of, imports_for}
 use Rattle.ms_build.specs.Roots.{named}
 use Rattle.ms_build.proofs.RootLemmas.{named-rising, orders_for, read_at_first, root-among}
-use Rattle.ms_build.proofs.WiderLemmas.{over_by}
+use Rattle.ms_build.proofs.WiderLemmas.{least_still, over_by}
 use Rattle.ms_build.specs.Short.{ChildLacks, WideningLacks}
 use Rattle.ms_build.proofs.RefusalLemmas.{refused_more}
 use Rattle.ms_build.proofs.roots.over_variables.Goals as goal
@@ -36,6 +36,9 @@ returns-clause-root c =
     over_by plan.mode (named orders c.args.variables.now) meaning c.in-Ok.part (variables_of c.slice.result.now) c.over_tracks.result c.states.ensures.automaton part.mode_is part.values
     (ap variables_of c.slice.ensures ∙ c.in-Ok-root_tracks.ensures) (root-among plan.mode orders c.args.child.now c.args.variables.now c.requires.variables meaning c.in-Ok.part part c.in-Ok.ensures.only)
     c.over_tracks.ensures.over
+
+pub returns-clause-least : goal.returns-clause-least
+returns-clause-least c = least_still c.in-Ok.part c.in-Ok.ensures.least c.over_tracks.result c.over_tracks.ensures.least
 
 pub returns-clause-nodes : goal.returns-clause-nodes
 returns-clause-nodes c =

@@ -1,10 +1,12 @@
-use Rattle.std.proofs.Common.{ap, sym, subst, ◌∙◌}
+use Rattle.std.proofs.Common.{◌≡◌, ap, sym, subst, ◌∙◌}
 use Rattle.ms_dfa.specs.Automaton.{IsAutomaton}
+use Rattle.ms_dfa.proofs.OrdersLemmas.{orders_of}
 use Rattle.ms_logic_words.specs.declared.sign.Sign.{Sign}
 use Rattle.ms_logic_words.specs.Content.{Content}
 use Rattle.ms_dfa.specs.Values.{HasValues, own_meaning}
 use Rattle.ms_product.proofs.ChangeLemmas.{content_is}
 use Rattle.ms_rename.specs.Renamed.{renamed, renamed_meaning}
+use Rattle.ms_rename.proofs.LeastLemmas.{parts_least, renamed-orders}
 use Rattle.ms_rename.proofs.OrderLemmas.{distinct-same, renamed-rising, HasValues-in_order, IsAutomaton-in_order}
 use Rattle.ms_rename.proofs.renaming.renamed_in_order.Goals as goal
 
@@ -40,3 +42,10 @@ returns-clause-parts c = record {
   states = ap (λ (content : Content Sign). content.states) c.make.ensures ∙ c.in_ok-states.ensures;
   nodes = ap (λ (content : Content Sign). content.nodes) c.make.ensures ∙ c.in_ok-store.ensures.nodes ∙ c.store.ensures;
 }
+
+pub returns-clause-least : goal.returns-clause-least
+returns-clause-least c =
+    let a = c.args.a.now in
+    let names = c.args.map.now in
+    let variables : c.make.result.variables ≡ renamed names a.variables = ap (λ (content : Content Sign). content.variables) c.make.ensures ∙ c.in_ok-tracks.ensures ∙ ap (renamed names) c.tracks.ensures.variables in
+    parts_least c.make.result a (returns-clause-parts c) (ap orders_of variables ∙ renamed-orders names a.variables c.requires.long)

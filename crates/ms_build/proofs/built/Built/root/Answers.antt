@@ -1,4 +1,4 @@
-use Rattle.std.proofs.Common.{inl, map, length, sym, ap, subst, ◌∙◌, arith, rules}
+use Rattle.std.proofs.Common.{inl, IfOk, map, length, sym, ap, subst, ◌∙◌, arith}
 use Rattle.std.specs.Option.{option_map}
 use Rattle.std.proofs.lemmas.Option.{slice_get-map, slice_get_within}
 use Rattle.ms_dag.specs.declared.node.Child.{Child}
@@ -6,12 +6,10 @@ use Rattle.ms_build.specs.Built.{entries_of, roots_of}
 use Rattle.std.specs.List.Sorted.{IsStrictlyIncreasing}
 use Rattle.ms_build.specs.Roots.{AreRootVariables, IsOverRoot, IsReadInSource, named}
 use Rattle.ms_build.specs.Short.{ChildLacks, RootLacks}
-use Rattle.ms_build.proofs.RefusalLemmas.{fault_more}
+use Rattle.ms_build.proofs.RefusalLemmas.{refused_more}
 use Rattle.ms_logic.proofs.Items.{contains_at}
-use Rattle.ms_build.proofs.RootLemmas.{root_at, root_by}
+use Rattle.ms_build.proofs.RootLemmas.{root_at, root_made}
 use Rattle.ms_build.proofs.built.Built.root.Goals as goal
-use Rattle.ms_logic_words.specs.Content.{Content}
-use Rattle.ms_logic_words.specs.declared.sign.Sign.{Sign}
 
 pub over_variables-requires-clause-read : goal.over_variables-requires-clause-read
 over_variables-requires-clause-read c =
@@ -39,21 +37,14 @@ over_variables-requires-clause-variables c =
     subst (λ variables. AreRootVariables c.root-child.result.now variables) root.3
     (subst (λ child. AreRootVariables child root.0.variables) root.2 (c.requires.read c.args.r root.0 root.1).1)
 
-pub returns-in-Ok-clause-root : goal.returns-in-Ok-clause-root
-returns-in-Ok-clause-root c =
+pub returns-clause-root : goal.returns-clause-root
+returns-clause-root c =
     let plan = c.args.self.now.plan in
     let root = root_at plan.dag.now.roots c.args.r c.root-child.result.now c.variables-variables.result.now c.root-child.ensures c.variables-variables.ensures in
-    let over = subst (λ variables. IsOverRoot plan root.0.child variables c.in_ok-over.over) (sym root.3)
-    (subst (λ child. IsOverRoot plan child c.variables-variables.result.now c.in_ok-over.over) (sym root.2) c.in_ok-over.ensures.root) in
-    root_by plan c.args.r root.0 root.1 c.in_ok-over.over over c.in-Ok.made
-    (record {
-      mode_is = c.in-Ok.ensures.mode;
-      variables_are = c.in-Ok.ensures.variables;
-      signs = c.in-Ok.ensures.signs;
-      fewest = c.in-Ok.ensures.least.fewest;
-      reached = c.in-Ok.ensures.least.reached;
-      differ = c.in-Ok.ensures.least.differ;
-    })
+    let is = c.over_variables.ensures in
+    root_made plan c.args.r root.0 root.1 c.over_variables.result
+    (subst (λ variables. IfOk c.over_variables.result (IsOverRoot plan root.0.child variables)) (sym root.3)
+    (subst (λ child. IfOk c.over_variables.result (IsOverRoot plan child c.variables-variables.result.now)) (sym root.2) is.root)) is.least
 
 pub over_variables-requires-clause-rising : goal.over_variables-requires-clause-rising
 over_variables-requires-clause-rising c =
@@ -61,15 +52,15 @@ over_variables-requires-clause-rising c =
     let root = root_at plan.dag.now.roots c.args.r c.root-child.result.now c.variables-variables.result.now c.root-child.ensures c.variables-variables.ensures in
     subst (λ (child : Child). IsStrictlyIncreasing child.map) root.2 (c.requires.read c.args.r root.0 root.1).2
 
-pub returns-in_err-over-clause-nodes : goal.returns-in_err-over-clause-nodes
-returns-in_err-over-clause-nodes c =
+pub returns-clause-nodes : goal.returns-clause-nodes
+returns-clause-nodes c =
     let plan = c.args.self.now.plan in
     let root = root_at plan.dag.now.roots c.args.r c.root-child.result.now c.variables-variables.result.now c.root-child.ensures c.variables-variables.ensures in
-    fault_more (Content Sign) (λ refused. ChildLacks plan c.root-child.result.now (named plan.dag.now.orders c.variables-variables.result.now)) (λ refused. RootLacks plan c.args.r) c.in_err-over.field-0.0 c.from_residual.result (search rules)
+    refused_more (λ refused. ChildLacks plan c.root-child.result.now (named plan.dag.now.orders c.variables-variables.result.now)) (λ refused. RootLacks plan c.args.r) c.over_variables.result
     (λ refused short. (
       root.0,
       root.1,
       subst (λ variables. ChildLacks plan root.0.child (named plan.dag.now.orders variables)) (sym root.3)
           (subst (λ child. ChildLacks plan child (named plan.dag.now.orders c.variables-variables.result.now)) (sym root.2) short),
     ))
-    c.in_err-over.ensures.nodes
+    c.over_variables.ensures.nodes
